@@ -39,7 +39,7 @@ fn take(rt: &impl Print, pool: &mut Tray<'_, Reading>, place: usize) -> Result<(
 }
 
 /// Three readings go into a pool of three places; one is taken out of the middle, and its place serves again.
-pub fn play_pool(
+pub(crate) fn play_pool(
     rt: &impl Print,
     first: Reading,
     second: Reading,

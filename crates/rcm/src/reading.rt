@@ -7,15 +7,15 @@ use std::fmt;
 
 /// The length that a party read at a stake, with the write's place in the order of writes.
 #[derive(Clone, Copy)]
-pub struct Reading {
-    pub stake: usize,
-    pub length: i32,
-    pub order: WriteOrder,
+pub(crate) struct Reading {
+    pub(crate) stake: usize,
+    pub(crate) length: i32,
+    pub(crate) order: WriteOrder,
 }
 
 impl Reading {
     /// What the stake shows once another reading of it has arrived: the later of the two.
-    pub fn after(self, arriving: Reading) -> Reading
+    pub(crate) fn after(self, arriving: Reading) -> Reading
         ensures { λ r. ⌜ r ≡ cond (later (arriving .order) (self .order)) arriving self ⌝ }
     {
         if arriving.order.is_later_than(&self.order) {
@@ -26,7 +26,7 @@ impl Reading {
     }
 }
 
-pub impl Concerns for Reading as ReadingConcerns {
+pub(crate) impl Concerns for Reading as ReadingConcerns {
     ghost client = { λ x. x .order .client };
 
     fn client(&self) -> usize {
@@ -34,7 +34,7 @@ pub impl Concerns for Reading as ReadingConcerns {
     }
 }
 
-pub impl fmt::Display for Reading as ReadingDisplay {
+pub(crate) impl fmt::Display for Reading as ReadingDisplay {
     fn fmt<W: fmt::Write>(&self, f: &mut fmt::Formatter<W>) -> fmt::Result {
         let length = self.length;
         let party = self.order.client;

@@ -60,8 +60,8 @@ impl Stamp {
     pub fn merge(&mut self, other: &Stamp)
         ensures { λ _. ⌜ now (self .exit) ≡ merged (now (self .entry)) (now (other .entry)) ⌝ }
     {
-        for client in 0..CLIENTS {
-            self.counts[client] = self.counts[client].max(other.counts[client]);
+        for i in 0..CLIENTS {
+            self.counts[i] = self.counts[i].max(other.counts[i]);
         }
     }
 

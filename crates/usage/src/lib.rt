@@ -3,7 +3,7 @@ mod posts;
 
 pub use posts::move_back;
 pub use posts::post_both;
-pub use posts::post_twice;
+pub use posts::post_reversed;
 
 #[cfg(test)]
 mod tests;

@@ -14,11 +14,11 @@ pub fn post_both<T: Copy>(tray: &mut Tray<'_, T>, first: T, second: T) -> Result
     Ok(())
 }
 
-/// Adds an element twice: one more layer that only hands the tray on.
-pub fn post_twice<T: Copy>(tray: &mut Tray<'_, T>, element: T) -> Result<(), TrayFault>
-    ensures { λ r. ⌜ Posted-both (now (tray .entry)) element element r (now (tray .exit)) ⌝ }
+/// Adds two elements the other way round: one more layer, which only hands the tray on.
+pub fn post_reversed<T: Copy>(tray: &mut Tray<'_, T>, first: T, second: T) -> Result<(), TrayFault>
+    ensures { λ r. ⌜ Posted-both (now (tray .entry)) second first r (now (tray .exit)) ⌝ }
 {
-    post_both(tray, element, element)
+    post_both(tray, second, first)
 }
 
 /// Takes the element at the place out and adds it at the end again.

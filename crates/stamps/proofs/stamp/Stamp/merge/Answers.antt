@@ -11,6 +11,6 @@ unfolding merged
 returns c =
     let s = c .args .self .now in
     let t = c .args .other .now in
-    let f : ℕ → ℕ = λ i. max (count-of s i) (count-of t i) in
-    stamp-is (c .loop-client .self .counts) f (omega arith)
-    (λ i lt. omega (arith, c .loop-client .inv .1 i (omega arith), count-within s i lt, count-within t i lt))
+    let f : ℕ → ℕ = λ d. max (count-of s d) (count-of t d) in
+    stamp-is (c .loop-i .self .counts) f (omega arith)
+    (λ d lt. omega (arith, c .loop-i .inv .1 d (omega arith), count-within s d lt, count-within t d lt))
