@@ -1,17 +1,19 @@
-// Plays what stands so far through, in print: stamps, which of two readings is the later, and a pool.
+// Plays what stands so far through, in print: stamps, which of two readings is the later, a pool, and boxes that keep readings.
+mod boxes;
 mod pool;
 mod reading;
 
+use boxes::play_boxes;
 use pool::play_pool;
 use reading::Reading;
 use reading::ReadingDisplay;
 use stamps::Stamp;
-use stamps::WriteOrder;
 use std::error::AnyError;
+use stores::Entry;
 
 const STAKE: usize = 2;
 
-// The party reads the stake: its count is raised, and the reading gets its place in the order of writes.
+// The party reads the stake: its count is raised, and the reading gets its number and rank.
 fn read_stake(
     rt: &impl Print,
     stamp: &mut Stamp,
@@ -21,8 +23,7 @@ fn read_stake(
     let Some(number) = stamp.raise(party) else {
         return Err("the party has no write left".into());
     };
-    let order = WriteOrder::of(stamp, party);
-    let rank = order.rank;
+    let rank = stamp.rank();
     println!(
         rt,
         "party {party} reads {length} at stake {STAKE}: its write {number}, rank {rank}"
@@ -30,8 +31,12 @@ fn read_stake(
     tell_stamp(rt, party, stamp)?;
     Ok(Reading {
         stake: STAKE,
-        length,
-        order,
+        entry: Entry {
+            client: party,
+            number,
+            rank,
+            value: length,
+        },
     })
 }
 
@@ -57,13 +62,13 @@ fn run(rt: &impl Print) -> Result<(), AnyError> {
     let first = read_stake(rt, &mut upper, 0, -1840)?;
     let second = read_stake(rt, &mut lower, 1, -1835)?;
     play_both_ways(rt, first, second)?;
-    let covered = second.order.rank;
     upper.merge(&lower);
-    println!(rt, "party 0 learns of party 1's write of rank {covered}")?;
+    println!(rt, "party 0 learns of party 1's write")?;
     tell_stamp(rt, 0, &upper)?;
     let third = read_stake(rt, &mut upper, 0, -1838)?;
     play_both_ways(rt, second, third)?;
-    play_pool(rt, first, second, third)
+    play_pool(rt, first, second, third)?;
+    play_boxes(rt, second, third)
 }
 
 fn main(rt: LibcRuntime) -> Result<(), AnyError> {

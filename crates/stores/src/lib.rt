@@ -1,0 +1,38 @@
+// Stores: what each key shows. One interface, two kinds of stores, and banks of stores.
+mod bank;
+mod cases;
+mod entry;
+mod fault;
+mod finding;
+mod journal;
+mod one;
+mod pair;
+mod record;
+mod store;
+mod table;
+
+pub use bank::Bank;
+pub use cases::smallest_with_journal;
+pub use entry::Entry;
+pub use entry::EntryDebug;
+pub use entry::EntryPartialEq;
+pub use fault::Layer;
+pub use fault::LayerDebug;
+pub use fault::LayerPartialEq;
+pub use fault::Refusal;
+pub use fault::RefusalDebug;
+pub use fault::RefusalPartialEq;
+pub use fault::StoreFault;
+pub use fault::StoreFaultDebug;
+pub use fault::StoreFaultPartialEq;
+pub use finding::lowest_in_use;
+pub use journal::Journal;
+pub use journal::methods::JournalStore;
+pub use one::One;
+pub use one::OneBank;
+pub use pair::Pair;
+pub use pair::PairBank;
+pub use record::Record;
+pub use store::Store;
+pub use table::Table;
+pub use table::TableStore;
