@@ -13,14 +13,12 @@ use Rattle.stores.specs.Finding.{lowest-below, or-else}
 module _ (p : ℕ → Bool) where
   -- none so far, and not this one
   pub lowest-more : (i : ℕ) → lowest-below i p ≡ None → p i ≡ false → lowest-below (i + 1) p ≡ None
-  unfolding lowest-below
   lowest-more i none miss =
       ap (λ n. lowest-below n p) (add-one i)
       ∙ (λ j. or-else (none j) (cond (miss j) (Some i) None))
 
   -- none so far, and this one: it stays the lowest
   pub lowest-found : (n i : ℕ) → i < n → lowest-below i p ≡ None → p i ≡ true → lowest-below n p ≡ Some i
-  unfolding lowest-below
   lowest-found zero i lt none hit = absurd (omega arith)
   lowest-found (suc n) i lt none hit =
       ⊎-elim

@@ -15,7 +15,7 @@ or-else (Some i) other = Some i
 or-else None other = other
 
 -- the lowest number below n that passes the test
-unfoldable pub lowest-below : ℕ → (ℕ → Bool) → Option ℕ
+abbrev pub lowest-below : ℕ → (ℕ → Bool) → Option ℕ
 lowest-below zero p = None
 lowest-below (suc n) p = or-else (lowest-below n p) (cond (p n) (Some n) None)
 

@@ -44,9 +44,10 @@ impl Journal {
         ensures shown { λ _. ⌜ journal-shows (now (self .exit)) ≡ journal-shows (now (self .entry)) ⌝ }
         ensures room { λ _. ⌜ now (self .exit) .used < 96 ⌝ }
     {
-        if self.used == SPACE {
-            self.used = close_up(&mut self.records);
+        if self.used < SPACE {
+            return;
         }
+        self.used = close_up(&mut self.records);
     }
 
     fn append(&mut self, latest: Record)

@@ -1,4 +1,4 @@
-use mathlib.Core.Path.{_≡_, refl, sym, ap}
+use mathlib.Core.Path.{_≡_, sym, ap}
 use mathlib.Core.Bool.{Bool, true, false}
 use Prim.Native.Nat.{ℕ}
 use native.Mathlib.Omega.{arith}
@@ -9,10 +9,6 @@ use Rattle.stores.specs.Banks.{store-at}
 use Rattle.stores.specs.Finding.{lowest-below}
 use Rattle.stores.proofs.Lowest.{lowest-more, lowest-found}
 use Rattle.stores.proofs.finding.is_in_use.Needs as need
-
-pub loop-key-holds : need.loop-key-holds
-unfolding lowest-below
-loop-key-holds g c = refl
 
 pub returns-then-shows-entry : need.returns-then-shows-entry
 returns-then-shows-entry g c =

@@ -1,4 +1,4 @@
-use mathlib.Core.Path.{_≡_, refl, sym}
+use mathlib.Core.Path.{_≡_, sym}
 use mathlib.Core.Bool.{Bool, true, false}
 use Prim.Native.Nat.{ℕ}
 use native.Mathlib.Omega.{arith}
@@ -6,10 +6,6 @@ use Rattle.stores.specs.Banks.{store-at}
 use Rattle.stores.specs.Finding.{lowest-below, in-use}
 use Rattle.stores.proofs.Lowest.{lowest-more, lowest-found}
 use Rattle.stores.proofs.finding.lowest_in_use.Needs as need
-
-pub loop-store-holds : need.loop-store-holds
-unfolding lowest-below
-loop-store-holds g c = refl
 
 pub returns-then-is-in-use : need.returns-then-is-in-use
 returns-then-is-in-use g c =

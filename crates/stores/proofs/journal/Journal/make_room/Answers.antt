@@ -31,7 +31,7 @@ ghost-self c =
     let ys = c .close-up-self .last .records in
     let n = c .close-up-self .result in
     let closed = c .close-up-self .ensures .records in
-    let full = c .if-self-eq-SPACE .taken in (
+    let full : j .used ≡ journal-space = omega arith in (
       omega arith,
       (
         omega (arith, few-left j ys n full closed (omega arith)),
@@ -42,12 +42,12 @@ ghost-self c =
       ),
     )
 
-pub returns-then-self-eq-SPACE : need.returns-then-self-eq-SPACE
-returns-then-self-eq-SPACE c =
+pub returns : need.returns
+returns c =
     let j = c .args .self .now in
     let ys = c .close-up-self .last .records in
     let n = c .close-up-self .result in
-    let full = c .if-self-eq-SPACE .taken in
+    let full : j .used ≡ journal-space = omega arith in
     let closed = c .close-up-self .ensures .records in
     let all = all-used j ys n full closed in
     let rs = take (j .used) (j .records) in

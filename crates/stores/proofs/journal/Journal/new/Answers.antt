@@ -1,8 +1,7 @@
 use mathlib.Core.Path.{refl}
-use mathlib.Core.List.{[]}
 use native.Mathlib.Omega.{arith}
 use Rattle.stores.proofs.RecordLaws.{shown-length}
 use Rattle.stores.proofs.journal.Journal.new.Needs as need
 
 pub ghost-result : need.ghost-result
-ghost-result c = (refl, (omega arith, (refl, (shown-length [], tt))))
+ghost-result c = (refl, (omega arith, (refl, (shown-length _, tt))))
