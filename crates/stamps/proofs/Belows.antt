@@ -50,3 +50,18 @@ pub at-le-sum-below : (n : ℕ) (f : ℕ → ℕ) (i : ℕ) → i < n → f i �
 at-le-sum-below zero f i lt = absurd (omega arith)
 at-le-sum-below (suc n) f i lt =
     ⊎-elim (λ (e : i ≡ n). rw e (omega arith)) (λ ne. omega (arith, at-le-sum-below n f i (omega arith))) (cases-eq i n)
+
+-- nowhere more, and less by d at one place
+pub sum-below-less : (n : ℕ) (f g : ℕ → ℕ) → ((k : ℕ) → k < n → g k ≤ f k) → (c d : ℕ) → c < n → g c + d ≤ f c → sum-below n g + d ≤ sum-below n f
+sum-below-less zero f g h c d lt less = absurd (omega arith)
+sum-below-less (suc n) f g h c d lt less =
+    ⊎-elim
+    (λ (e : c ≡ n).
+    let here : g n + d ≤ f n = rw e at less in
+    omega (arith, sum-below-le n g f (λ k l. h k (omega arith))))
+    (λ ne. omega (arith, sum-below-less n f g (λ k l. h k (omega arith)) c d (omega arith) less, h n (omega arith)))
+    (cases-eq c n)
+
+pub sum-below-ones : (n : ℕ) (f : ℕ → ℕ) → ((k : ℕ) → f k ≤ 1) → sum-below n f ≤ n
+sum-below-ones zero f h = omega arith
+sum-below-ones (suc n) f h = omega (arith, sum-below-ones n f h, h n)

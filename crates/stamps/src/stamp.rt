@@ -1,6 +1,5 @@
 ghost use mathlib.Core.Path.{_≡_};
-ghost use Prim.Native.Nat.{_<_};
-ghost use Rattle.stamps.specs.Stamps.{clients, count-of, with-count, zero-stamp, at-most, merged, Raised, rank-of};
+ghost use Rattle.stamps.specs.Stamps.{count-of, with-count, zero-stamp, at-most, merged, Raised, rank-of};
 
 /// How many clients a stamp has counts for, numbered from 0.
 pub const CLIENTS: usize = 8;
@@ -79,11 +78,13 @@ impl Stamp {
         Some(count + 1)
     }
 
-    fn set_count(&mut self, client: usize, count: u16)
-        requires { ⌜ client < clients ⌝ }
-        ensures { λ _. ⌜ now (self .exit) ≡ with-count (now (self .entry)) client count ⌝ }
+    /// Sets the count of client `who`; a number that no client has sets none.
+    pub fn set_count(&mut self, who: usize, count: u16)
+        ensures { λ _. ⌜ now (self .exit) ≡ with-count (now (self .entry)) who count ⌝ }
     {
-        self.counts[client] = count;
+        if who < CLIENTS {
+            self.counts[who] = count;
+        }
     }
 
     /// The sum of the counts, by which writes are ordered.

@@ -1,0 +1,11 @@
+pub mod Messages
+pub mod Faults
+pub mod Making
+pub mod Posting
+pub mod Clients
+pub mod Beginning
+pub mod Servers
+pub mod Settling
+pub mod Serving
+pub mod Nodes
+pub mod Cases

@@ -1,0 +1,35 @@
+// Messages, and what one server and one client do with them.
+mod begin;
+mod cases;
+mod client;
+mod fault;
+mod form;
+mod making;
+mod message;
+mod nodes;
+mod posting;
+mod server;
+mod sizes;
+
+pub use cases::node_rules_stand;
+pub use client::Activity;
+pub use client::Answered;
+pub use client::Assignment;
+pub use client::Client;
+pub use fault::NodeFault;
+pub use fault::NodeFaultDebug;
+pub use fault::NodeFaultFromStore;
+pub use fault::NodeFaultPartialEq;
+pub use fault::Reason;
+pub use fault::ReasonDebug;
+pub use fault::ReasonPartialEq;
+pub use form::HIGHEST_OPERATION;
+pub use message::Body;
+pub use message::Message;
+pub use message::MessageConcerns;
+pub use message::Payload;
+pub use server::AHEAD;
+pub use server::Held;
+pub use server::Queue;
+pub use server::Server;
+pub use sizes::Sizes;
