@@ -1,4 +1,5 @@
 // Messages, and what one server and one client do with them.
+mod alone;
 mod begin;
 mod cases;
 mod client;
@@ -10,7 +11,10 @@ mod nodes;
 mod posting;
 mod server;
 mod sizes;
+mod terminal;
+mod ticket;
 
+pub use alone::LoneServer;
 pub use cases::node_rules_stand;
 pub use client::Activity;
 pub use client::Answered;
@@ -33,3 +37,6 @@ pub use server::Held;
 pub use server::Queue;
 pub use server::Server;
 pub use sizes::Sizes;
+pub use terminal::Terminal;
+pub use ticket::Ticket;
+pub use ticket::Unfinished;
