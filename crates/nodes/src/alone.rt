@@ -5,7 +5,7 @@ use crate::sizes::Sizes;
 pub mod methods;
 
 /// A server that runs by itself, with its number among the servers of a net of these sizes.
-#[derive(Clone, Copy)]
+#[derive(Drop)]
 pub struct LoneServer {
     server: Server,
     sizes: Sizes,

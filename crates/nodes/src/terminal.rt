@@ -5,7 +5,7 @@ use crate::sizes::Sizes;
 pub mod methods;
 
 /// A client that runs by itself, with its number among the clients of a net of these sizes.
-#[derive(Clone, Copy)]
+#[derive(Drop)]
 pub struct Terminal {
     client: Client,
     sizes: Sizes,
