@@ -18,10 +18,11 @@ use Rattle.stores.specs.Banks.{store-at}
 use Rattle.stores.specs.Faults.{no-such-key}
 use Rattle.stores.specs.Stores.{Shown}
 use Rattle.stores.specs.declared.entry.Entry.{Entry}
+use Rattle.stores.specs.declared.record.Record.{Record}
 use Rattle.nodes.specs.Messages.{well-formed}
 use Rattle.nodes.specs.Posting.{to-others, or-no-room}
 use Rattle.nodes.specs.Servers.{Work, work, queue-of, slot-of, ack}
-use Rattle.nodes.specs.Settling.{settled}
+use Rattle.nodes.specs.Settling.{settled, writes-applied}
 use Rattle.nodes.specs.declared.fault.NodeFault.{NodeFault}
 use Rattle.nodes.specs.declared.fault.NodeFault.the-variants.{Refused, Store}
 use Rattle.nodes.specs.declared.fault.Reason.{Reason}
@@ -114,6 +115,24 @@ served-by z me w m (Ack stamp) = w
 abbrev pub served : Sizes → ℕ → Work → Message → Work
 served z me w m = served-by z me w m (m .body)
 
+-- the writes that it applies on the way, in order
+abbrev pub applied-by : Sizes → ℕ → Work → Message → Body → List Record
+applied-by z me w m (Read key stamp) = []
+applied-by z me w m (Write p) =
+    cond (is-applied (w .server) (m .client) (p .number)) [] (writes-applied (z .f) me (z .clients) (newly z me w m p None))
+applied-by z me w m (Update p) =
+    cond (is-applied (w .server) (m .client) (p .number)) [] (writes-applied (z .f) me (z .clients) (newly z me w m p (Some (m .sender))))
+applied-by z me w m (Resp shown stamp) = []
+applied-by z me w m (Ack stamp) = []
+
+-- what a message leads to: server, store and pool after it, and the writes applied
+pub record Outcome : Type 0 where
+  pub after : Work
+  pub applied : List Record
+
+abbrev pub outcome : Sizes → ℕ → Work → Message → Outcome
+outcome z me w m = record { after = served z me w m; applied = applied-by z me w m (m .body) }
+
 -- the kinds that a server takes
 abbrev pub is-request : Body → Bool
 is-request (Read key stamp) = true
@@ -163,7 +182,7 @@ server-check z me s shown m free =
 abbrev pub Received : {B : Type 0} → (B → List Shown) → Sizes → ℕ → ℕ → Message → Server → B → Tray Message → Result (Unit {0}) NodeFault → Server → B → Tray Message → Type 0
 Received shows z me j m s b p (Ok _) s′ b′ p′ =
     (server-check z me s (store-at (shows b) j) m (free-places p) ≡ Ok tt)
-    × (work s′ (store-at (shows b′) j) (elements p′) ≡ served z me (work s (store-at (shows b) j) (elements p)) m)
+    × (work s′ (store-at (shows b′) j) (elements p′) ≡ outcome z me (work s (store-at (shows b) j) (elements p)) m .after)
     × (shows b′ ≡ set (shows b) j (store-at (shows b′) j))
     × (capacity-of p′ ≡ capacity-of p)
 Received shows z me j m s b p (Err e) s′ b′ p′ = (server-check z me s (store-at (shows b) j) m (free-places p) ≡ Err e) × (s′ ≡ s) × (b′ ≡ b) × (p′ ≡ p)

@@ -8,7 +8,8 @@ use Rattle.std.specs.declared.option.Option.{Option}
 use Rattle.std.specs.declared.option.Option.the-variants.{Some, None}
 use Rattle.stamps.specs.Below.{sum-below}
 use Rattle.stamps.specs.Stamps.{count-of}
-use Rattle.nodes.specs.Servers.{Work, queue-of, slot-of, ready-of, applied}
+use Rattle.nodes.specs.Servers.{Work, queue-of, slot-of, entry-of, ready-of, applied}
+use Rattle.stores.specs.declared.record.Record.{Record}
 use Rattle.nodes.specs.declared.server.Held.{Held}
 use Rattle.nodes.specs.declared.server.Queue.{Queue}
 use Rattle.nodes.specs.declared.server.Server.{Server}
@@ -54,3 +55,29 @@ waits s c = cond (ltb (count-of (s .stamp) c) (queue-of s c .awaited)) 1 0
 -- how many clients do: no more ACKs are posted than that
 unfoldable pub waiting : Server → ℕ → ℕ
 waiting s m = sum-below m (waits s)
+
+-- a write by its key and entry
+abbrev pub write-of : ℕ → Held → Record
+write-of c h = record { key = h .key; entry = entry-of c h }
+
+abbrev pub next-at : ℕ → Option Held → Option Record → Option Record
+next-at c None further = further
+next-at c (Some h) further = Some (write-of c h)
+
+-- the write that `applied-first` applies
+abbrev pub next-write : ℕ → Server → ℕ → ℕ → Option Record
+next-write f s c zero = None
+next-write f s c (suc left) = next-at c (ready-of f s c) (next-write f s (c + 1) left)
+
+abbrev pub listed : Option Record → Option Work → (Work → List Record) → List Record
+listed None next further = []
+listed (Some r) None further = r ∷ []
+listed (Some r) (Some next) further = r ∷ further next
+
+abbrev pub drained-writes : ℕ → ℕ → ℕ → ℕ → Work → List Record
+drained-writes f me m zero w = []
+drained-writes f me m (suc times) w = listed (next-write f (w .server) 0 m) (applied-first f me w 0 m) (drained-writes f me m times)
+
+-- the writes that settling applies, in order
+unfoldable pub writes-applied : ℕ → ℕ → ℕ → Work → List Record
+writes-applied f me m w = drained-writes f me m (in-hand (w .server .queues)) w

@@ -1,13 +1,22 @@
 // Plays what stands so far through, in print: stamps, which of two readings is the later, a pool, and boxes that keep readings.
 mod boxes;
+mod delivery;
+mod huts;
+mod party;
 mod pool;
 mod reading;
 
 use boxes::play_boxes;
+use delivery::play_delivery;
+use huts::Huts;
+use nodes::Body;
+use nodes::Message;
+use nodes::Terminal;
 use pool::play_pool;
 use reading::Reading;
 use reading::ReadingDisplay;
 use stamps::Stamp;
+use stamps::Tray;
 use std::error::AnyError;
 use stores::Entry;
 
@@ -68,7 +77,32 @@ fn run(rt: &impl Print) -> Result<(), AnyError> {
     let third = read_stake(rt, &mut upper, 0, -1838)?;
     play_both_ways(rt, second, third)?;
     play_pool(rt, first, second, third)?;
-    play_boxes(rt, second, third)
+    play_boxes(rt, second, third)?;
+    play_nodes(rt)
+}
+
+// Sets three boxes, a terminal and a pool up.
+fn play_nodes(rt: &impl Print) -> Result<(), AnyError> {
+    let blank = Message {
+        sender: 0,
+        receiver: 0,
+        client: 0,
+        operation: 0,
+        body: Body::Ack {
+            stamp: Stamp::zero(),
+        },
+    };
+    let mut places = [blank; 24];
+    let mut pool = Tray::new(&mut places);
+    let Ok(huts) = Huts::new() else {
+        return Err("three boxes are in range".into());
+    };
+    let Ok(terminal) = Terminal::new(1, 2, 0) else {
+        return Err("party 0 of two is in range".into());
+    };
+    let mut huts = huts;
+    let mut terminal = terminal;
+    play_delivery(rt, &mut terminal, &mut huts, &mut pool)
 }
 
 fn main(rt: LibcRuntime) -> Result<(), AnyError> {

@@ -1,0 +1,162 @@
+// What a server does with writes that come twice, early, or too far ahead.
+use nodes::Body;
+use nodes::Message;
+use nodes::NodeFault;
+use nodes::NodeFaultDebug;
+use nodes::NodeFaultPartialEq;
+use nodes::Payload;
+use nodes::Reason;
+use nodes::Server;
+use nodes::Sizes;
+use stamps::Stamp;
+use stamps::Tray;
+use std::test::*;
+use stores::Bank;
+use stores::Entry;
+use stores::EntryDebug;
+use stores::EntryPartialEq;
+use stores::One;
+use stores::OneBank;
+use stores::StoreFaultDebug;
+use stores::StoreFaultPartialEq;
+use stores::Table;
+use stores::TableStore;
+
+const KEY: usize = 3;
+
+fn counts(first: u16, second: u16) -> Stamp {
+    Stamp::new([first, second, 0, 0, 0, 0, 0, 0])
+}
+
+fn payload(number: u16, stamp: Stamp, value: i32) -> Payload {
+    Payload {
+        key: KEY,
+        value,
+        number,
+        stamp,
+    }
+}
+
+fn message(sender: usize, receiver: usize, client: usize, operation: u16, body: Body) -> Message {
+    Message {
+        sender,
+        receiver,
+        client,
+        operation,
+        body,
+    }
+}
+
+// Server 0 of a net of two clients takes the messages one after the other; what its store then shows.
+fn shown_after(f: usize, messages: &[Message]) -> Result<Option<Entry>, Fail> {
+    let Ok(sizes) = Sizes::new(f, 2, 64) else {
+        return Err(Fail::new("the sizes are in range"));
+    };
+    let mut places = [message(
+        0,
+        0,
+        0,
+        0,
+        Body::Ack {
+            stamp: counts(0, 0),
+        },
+    ); 32];
+    let mut pool = Tray::new(&mut places);
+    let mut bank = One(Table::new());
+    let mut server = Server::new();
+    for one in messages {
+        check_eq(
+            server.receive(&sizes, 0, 0, one, &mut bank, &mut pool),
+            Ok(()),
+        )?;
+    }
+    Ok(bank.look(0, KEY).ok().ok_or("no such key")?)
+}
+
+#[test]
+fn one_sender_counts_once() -> Result<(), Fail> {
+    let write = payload(1, counts(1, 0), -1840);
+    let first = message(1, 0, 0, 1, Body::Update(write));
+    let second = message(2, 0, 0, 1, Body::Update(write));
+    check_eq(shown_after(2, &[first, first, first])?, None)?;
+    check(shown_after(2, &[first, second])?.is_some()).note("three witnesses: 0, 1 and 2")
+}
+
+#[test]
+fn equal_ranks_end_the_same_either_way() -> Result<(), Fail> {
+    let one = message(1, 0, 0, 1, Body::Update(payload(1, counts(1, 0), 10)));
+    let other = message(1, 0, 1, 1, Body::Update(payload(1, counts(0, 1), 20)));
+    let later = Entry {
+        client: 1,
+        number: 1,
+        rank: 1,
+        value: 20,
+    };
+    check_eq(shown_after(1, &[one, other])?, Some(later))?;
+    check_eq(shown_after(1, &[other, one])?, Some(later))
+}
+
+#[test]
+fn four_numbers_ahead_and_no_more() -> Result<(), Fail> {
+    let Ok(sizes) = Sizes::new(1, 2, 64) else {
+        return Err(Fail::new("the sizes are in range"));
+    };
+    let server = Server::new();
+    let bank = One(Table::new());
+    let fourth = message(0, 0, 0, 4, Body::Write(payload(4, counts(4, 0), 1)));
+    let fifth = message(0, 0, 0, 5, Body::Write(payload(5, counts(5, 0), 1)));
+    check_eq(server.check(&sizes, 0, 0, &bank, &fourth, 4), Ok(()))?;
+    let too_far = NodeFault::Refused {
+        why: Reason::TooFarAhead,
+        node: 0,
+    };
+    check_eq(server.check(&sizes, 0, 0, &bank, &fifth, 4), Err(too_far))?;
+    check_eq(too_far.refusal().number, 28)
+}
+
+#[test]
+fn an_update_before_its_write_and_the_awaited_ack() -> Result<(), Fail> {
+    let Ok(sizes) = Sizes::new(1, 2, 64) else {
+        return Err(Fail::new("the sizes are in range"));
+    };
+    let mut places = [message(
+        0,
+        0,
+        0,
+        0,
+        Body::Ack {
+            stamp: counts(0, 0),
+        },
+    ); 16];
+    let mut pool = Tray::new(&mut places);
+    let mut bank = One(Table::new());
+    let mut server = Server::new();
+    let write = payload(1, counts(1, 0), -1840);
+    check_eq(
+        server.receive(
+            &sizes,
+            0,
+            0,
+            &message(1, 0, 0, 1, Body::Update(write)),
+            &mut bank,
+            &mut pool,
+        ),
+        Ok(()),
+    )?;
+    check_eq(pool.len(), 2).note("an UPDATE to each other server, and no ACK that nobody awaits")?;
+    check_eq(
+        server.receive(
+            &sizes,
+            0,
+            0,
+            &message(0, 0, 0, 1, Body::Write(write)),
+            &mut bank,
+            &mut pool,
+        ),
+        Ok(()),
+    )?;
+    check_eq(pool.len(), 3)?;
+    let ack = pool.get(2).ok().ok_or("no third message")?;
+    check_eq(ack.receiver, 0)?;
+    check_eq(server.stamp.count(0), 1)
+}
