@@ -115,7 +115,7 @@ fn four_numbers_ahead_and_no_more() -> Result<(), Fail> {
 }
 
 #[test]
-fn an_update_before_its_write_and_the_awaited_ack() -> Result<(), Fail> {
+fn an_update_may_come_before_its_write() -> Result<(), Fail> {
     let Ok(sizes) = Sizes::new(1, 2, 64) else {
         return Err(Fail::new("the sizes are in range"));
     };
@@ -155,8 +155,51 @@ fn an_update_before_its_write_and_the_awaited_ack() -> Result<(), Fail> {
         ),
         Ok(()),
     )?;
-    check_eq(pool.len(), 3)?;
+    check_eq(pool.len(), 3).note("the write is applied, so it is acknowledged")
+}
+
+#[test]
+fn the_awaited_ack_comes_with_the_second_witness() -> Result<(), Fail> {
+    let Ok(sizes) = Sizes::new(1, 2, 64) else {
+        return Err(Fail::new("the sizes are in range"));
+    };
+    let mut places = [message(
+        0,
+        0,
+        0,
+        0,
+        Body::Ack {
+            stamp: counts(0, 0),
+        },
+    ); 16];
+    let mut pool = Tray::new(&mut places);
+    let mut bank = One(Table::new());
+    let mut server = Server::new();
+    let write = payload(1, counts(1, 0), -1840);
+    check_eq(
+        server.receive(
+            &sizes,
+            0,
+            0,
+            &message(0, 0, 0, 7, Body::Write(write)),
+            &mut bank,
+            &mut pool,
+        ),
+        Ok(()),
+    )?;
+    check_eq(pool.len(), 2).note("an UPDATE to each other server")?;
+    check_eq(
+        server.receive(
+            &sizes,
+            0,
+            0,
+            &message(2, 0, 0, 7, Body::Update(write)),
+            &mut bank,
+            &mut pool,
+        ),
+        Ok(()),
+    )?;
     let ack = pool.get(2).ok().ok_or("no third message")?;
-    check_eq(ack.receiver, 0)?;
+    check_eq(ack.operation, 7)?;
     check_eq(server.stamp.count(0), 1)
 }
