@@ -8,7 +8,7 @@ ghost use Rattle.stores.specs.Stores.{Shown};
 ghost use Rattle.nodes.specs.Servers.{work, queue-of};
 ghost use Rattle.nodes.specs.Posting.{to-others};
 ghost use Rattle.nodes.specs.declared.message.Message.{Message};
-ghost use Rattle.nodes.specs.Serving.{Below, place-of, with-slot, first-witnesses, more-witnesses, update-of, taken, awaiting, newly, resp, served-by, room-needed, Received};
+ghost use Rattle.nodes.specs.Serving.{Below, place-of, with-slot, in-hand-of, first-witnesses, more-witnesses, update-of, taken, awaiting, newly, resp, served-by, room-needed, Received};
 ghost use Rattle.nodes.specs.Settling.{settled};
 ghost use Rattle.stores.specs.Banks.{store-at, shown-at};
 use super::Held;
@@ -45,6 +45,21 @@ fn more_witnesses(witnesses: u8, from: Option<usize>) -> u8
     }
 }
 
+impl Payload {
+    // The write in hand, with these witnesses.
+    fn in_hand(&self, operation: u16, witnesses: u8) -> Held
+        ensures { λ r. ⌜ r ≡ in-hand-of operation (now (self .entry)) witnesses ⌝ }
+    {
+        Held {
+            operation,
+            key: self.key,
+            value: self.value,
+            stamp: self.stamp,
+            witnesses,
+        }
+    }
+}
+
 impl Server {
     fn set_slot(&mut self, client: usize, place: usize, held: Held)
         requires { ⌜ client < 8 ⌝ ∗ ⌜ place < 4 ⌝ }
@@ -77,13 +92,7 @@ impl Server {
                 self.set_slot(client, place, Held { witnesses, ..held });
             }
             None => {
-                let held = Held {
-                    operation,
-                    key: payload.key,
-                    value: payload.value,
-                    stamp: payload.stamp,
-                    witnesses: first_witnesses(me, from),
-                };
+                let held = payload.in_hand(operation, first_witnesses(me, from));
                 self.set_slot(client, place, held);
                 let update = Message {
                     sender: me,

@@ -47,8 +47,16 @@ fn message(sender: usize, receiver: usize, client: usize, operation: u16, body: 
     }
 }
 
-// Server 0 of a net of two clients takes the messages one after the other; what its store then shows.
-fn shown_after(f: usize, messages: &[Message]) -> Result<Option<Entry>, Fail> {
+// What a server has done: what its store shows, how many messages it posted, and the operation of the last of them.
+#[derive(Clone, Copy)]
+struct Seen {
+    shown: Option<Entry>,
+    posted: usize,
+    last: u16,
+}
+
+// Server 0 of a net of two clients takes the messages one after the other.
+fn after(f: usize, messages: &[Message]) -> Result<Seen, Fail> {
     let Ok(sizes) = Sizes::new(f, 2, 64) else {
         return Err(Fail::new("the sizes are in range"));
     };
@@ -70,7 +78,17 @@ fn shown_after(f: usize, messages: &[Message]) -> Result<Option<Entry>, Fail> {
             Ok(()),
         )?;
     }
-    Ok(bank.look(0, KEY).ok().ok_or("no such key")?)
+    let posted = pool.len();
+    let last = match pool.get(posted.saturating_sub(1)) {
+        Ok(message) => message.operation,
+        Err(_) => 0,
+    };
+    let shown = bank.look(0, KEY).ok().ok_or("no such key")?;
+    Ok(Seen {
+        shown,
+        posted,
+        last,
+    })
 }
 
 #[test]
@@ -78,8 +96,8 @@ fn one_sender_counts_once() -> Result<(), Fail> {
     let write = payload(1, counts(1, 0), -1840);
     let first = message(1, 0, 0, 1, Body::Update(write));
     let second = message(2, 0, 0, 1, Body::Update(write));
-    check_eq(shown_after(2, &[first, first, first])?, None)?;
-    check(shown_after(2, &[first, second])?.is_some()).note("three witnesses: 0, 1 and 2")
+    check_eq(after(2, &[first, first, first])?.shown, None)?;
+    check(after(2, &[first, second])?.shown.is_some()).note("three witnesses: 0, 1 and 2")
 }
 
 #[test]
@@ -92,8 +110,8 @@ fn equal_ranks_end_the_same_either_way() -> Result<(), Fail> {
         rank: 1,
         value: 20,
     };
-    check_eq(shown_after(1, &[one, other])?, Some(later))?;
-    check_eq(shown_after(1, &[other, one])?, Some(later))
+    check_eq(after(1, &[one, other])?.shown, Some(later))?;
+    check_eq(after(1, &[other, one])?.shown, Some(later))
 }
 
 #[test]
@@ -116,90 +134,22 @@ fn four_numbers_ahead_and_no_more() -> Result<(), Fail> {
 
 #[test]
 fn an_update_may_come_before_its_write() -> Result<(), Fail> {
-    let Ok(sizes) = Sizes::new(1, 2, 64) else {
-        return Err(Fail::new("the sizes are in range"));
-    };
-    let mut places = [message(
-        0,
-        0,
-        0,
-        0,
-        Body::Ack {
-            stamp: counts(0, 0),
-        },
-    ); 16];
-    let mut pool = Tray::new(&mut places);
-    let mut bank = One(Table::new());
-    let mut server = Server::new();
     let write = payload(1, counts(1, 0), -1840);
-    check_eq(
-        server.receive(
-            &sizes,
-            0,
-            0,
-            &message(1, 0, 0, 1, Body::Update(write)),
-            &mut bank,
-            &mut pool,
-        ),
-        Ok(()),
+    let update = message(1, 0, 0, 1, Body::Update(write));
+    check_eq(after(1, &[update])?.posted, 2).note(
+        "an UPDATE to each other server, and no ACK that nobody awaits",
     )?;
-    check_eq(pool.len(), 2).note("an UPDATE to each other server, and no ACK that nobody awaits")?;
-    check_eq(
-        server.receive(
-            &sizes,
-            0,
-            0,
-            &message(0, 0, 0, 1, Body::Write(write)),
-            &mut bank,
-            &mut pool,
-        ),
-        Ok(()),
-    )?;
-    check_eq(pool.len(), 3).note("the write is applied, so it is acknowledged")
+    let both = after(1, &[update, message(0, 0, 0, 1, Body::Write(write))])?;
+    check_eq(both.posted, 3).note("the write is applied, so it is acknowledged")
 }
 
 #[test]
 fn the_awaited_ack_comes_with_the_second_witness() -> Result<(), Fail> {
-    let Ok(sizes) = Sizes::new(1, 2, 64) else {
-        return Err(Fail::new("the sizes are in range"));
-    };
-    let mut places = [message(
-        0,
-        0,
-        0,
-        0,
-        Body::Ack {
-            stamp: counts(0, 0),
-        },
-    ); 16];
-    let mut pool = Tray::new(&mut places);
-    let mut bank = One(Table::new());
-    let mut server = Server::new();
     let write = payload(1, counts(1, 0), -1840);
-    check_eq(
-        server.receive(
-            &sizes,
-            0,
-            0,
-            &message(0, 0, 0, 7, Body::Write(write)),
-            &mut bank,
-            &mut pool,
-        ),
-        Ok(()),
-    )?;
-    check_eq(pool.len(), 2).note("an UPDATE to each other server")?;
-    check_eq(
-        server.receive(
-            &sizes,
-            0,
-            0,
-            &message(2, 0, 0, 7, Body::Update(write)),
-            &mut bank,
-            &mut pool,
-        ),
-        Ok(()),
-    )?;
-    let ack = pool.get(2).ok().ok_or("no third message")?;
-    check_eq(ack.operation, 7)?;
-    check_eq(server.stamp.count(0), 1)
+    let first = message(0, 0, 0, 7, Body::Write(write));
+    check_eq(after(1, &[first])?.posted, 2).note("an UPDATE to each other server")?;
+    let seen = after(1, &[first, message(2, 0, 0, 7, Body::Update(write))])?;
+    check_eq(seen.posted, 3)?;
+    check_eq(seen.last, 7)?;
+    check(seen.shown.is_some())
 }
