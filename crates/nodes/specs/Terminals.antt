@@ -1,14 +1,12 @@
 -- A terminal that runs by itself, and the ticket that it hands out for each operation it begins.
 use Rattle.std.specs.Prelude.{◌≡◌, ℕ, ◌+◌, ◌*◌, ◌<◌, ◌≤◌, Bool, true, false, cond, ◌&&◌, ◌⊎◌, Some, None, Ok, Err, Option, Result, ◌==◌, nat_lt}
 use Rattle.stamps.specs.declared.tray.Tray.{Tray}
-use Rattle.nodes.specs.Beginning.{BeganRead, BeganWrite}
 use Rattle.nodes.specs.Clients.{answer_taken, answered}
 use Rattle.nodes.specs.Messages.{between, well_formed}
 use Rattle.nodes.specs.Nodes.{new_client, halted_client}
 use Rattle.nodes.specs.declared.client.Activity.{Activity}
 use Rattle.nodes.specs.declared.client.Activity.TheVariants.{Idle, Reading, Writing, Halted}
 use Rattle.nodes.specs.declared.client.Answered.{Answered}
-use Rattle.nodes.specs.declared.client.Assignment.{Assignment}
 use Rattle.nodes.specs.declared.client.Client.{Client}
 use Rattle.nodes.specs.declared.fault.NodeFault.{NodeFault}
 use Rattle.nodes.specs.declared.fault.NodeFault.TheVariants.{Refused}
@@ -38,6 +36,10 @@ SameTerminal x x' = (x'.sizes ≡ x.sizes) × (x'.me ≡ x.me)
 -- the ticket of the operation that was begun last
 abbrev pub ticket_of : ℕ → Client → Ticket
 ticket_of me c = record { client = me; operation = c.begun }
+
+-- the ticket is of an operation: operations are numbered from 1
+abbrev pub IsNumbered : Ticket → Type 0
+IsNumbered t = 1 ≤ t.operation
 
 -- 8 first, then as the client's record says; what is begun has a ticket
 abbrev pub Ticketed : (Result (Unit {0}) NodeFault → Client → Tray Message → Type 0) → ℕ → Terminal → Tray Message → Result Ticket NodeFault → Terminal → Tray Message → Type 0

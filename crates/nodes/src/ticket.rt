@@ -1,8 +1,11 @@
+ghost use Rattle.std.specs.Prelude.{◌≡◌};
+
 use crate::fault::NodeFault;
 
 /// The right to finish or abandon the operation that a terminal has begun: its client and operation number.
 ///
-/// Beginning makes it, and only finishing or abandoning takes it back; no reachable code lets one fall away.
+/// Beginning makes it, numbered from 1, and only finishing or abandoning takes it back. Only a ticket numbered 0
+/// may fall away, and no call hands one out.
 pub struct Ticket {
     pub(crate) client: usize,
     pub(crate) operation: u16,
@@ -10,7 +13,7 @@ pub struct Ticket {
 
 impl Drop for Ticket {
     fn drop(self)
-        requires { ⊥ }
+        requires { self.operation ≡ 0 }
     {
         let Ticket {
             client: _,

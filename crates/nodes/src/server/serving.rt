@@ -101,7 +101,7 @@ impl Server {
         message: &Message,
         free: usize,
     ) -> Result<(), NodeFault>
-        ensures { result ≡ server_check sizes.now me self.now (store_at (shows bank.now) at) message.now free }
+        ensures { result ≡ server_check sizes.now me self.now (store_at (B.shows bank.now) at) message.now free }
     {
         if !message.is_well_formed(sizes) || message.receiver != me || !message.body.is_request() {
             return Err(NodeFault::Refused {
