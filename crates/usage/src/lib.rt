@@ -1,4 +1,6 @@
 // Small callers of the layers below, of the kind that upper layers have, proved from the contracts alone.
+#![tactic(auto)]
+
 mod posts;
 mod puts;
 

@@ -17,7 +17,7 @@ pub fn put_twice<B: Bank>(
     second: Spot,
     new: Entry,
 ) -> Result<(), StoreFault>
-    ensures { PutTwice shows bank.old first old second new result bank.new }
+    ensures { PutTwice B.shows bank.old first old second new result bank.new }
 {
     bank.look(first.store, first.key)?;
     bank.look(second.store, second.key)?;
