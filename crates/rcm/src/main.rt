@@ -1,4 +1,6 @@
 // Plays what stands so far through, in print: stamps, which of two readings is the later, a pool, and boxes that keep readings.
+#![tactic(auto)]
+
 mod boxes;
 mod delivery;
 mod huts;
