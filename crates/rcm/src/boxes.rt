@@ -1,5 +1,5 @@
 use crate::reading::Reading;
-use stores::{Bank, Entry, Journal, One, Pair, Store, Table};
+use stores::{Bank, Entry, Journal, One, Pair, Table};
 
 type Boxes = Pair<Pair<One<Table>, One<Table>>, One<Journal>>;
 

@@ -1,6 +1,6 @@
 use nodes::{Body, LoneServer, Message, NodeFault};
 use stamps::Tray;
-use stores::{Bank, One, Store, Table};
+use stores::{Bank, One, Table};
 
 /// A box: a server by itself, with a table to keep its entries in.
 #[derive(Drop)]

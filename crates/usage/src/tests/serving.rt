@@ -3,7 +3,7 @@ use nodes::{Body, Message, NodeFault, Payload, Reason, Server, Sizes};
 use stamps::{Stamp, Tray};
 use std::process::Abort;
 use std::test::Fail;
-use stores::{Bank, Entry, One, Store, Table};
+use stores::{Bank, Entry, One, Table};
 
 const KEY: usize = 3;
 
