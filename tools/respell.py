@@ -7,7 +7,8 @@ The names stand in tools/respell-names.txt: words of specs/ and fields in snake 
 CamelCase, lemmas with a dash kept behind the name of a word (at_most-counts) and an underscore elsewhere.
 It turns specs/, proofs/, and of src/ the ghost lines, the clauses and what comments quote; in README.md and
 docs/ what is quoted. Code, strings, tests, outputs and must-fail edits stay. It goes by text: rt check decides.
-It says which names fall together, and which old name still stands anywhere.
+It says which new names two old ones share or a definition, struct, enum or trait has already, and, when it has
+written, which old name still stands below crates/.
 """
 import os
 import re
