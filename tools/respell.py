@@ -1,12 +1,13 @@
 #!/usr/bin/env python3
 """Turns this repository's own definitions, lemmas, fields and local names to today's spelling.
 
-usage: python3 tools/respell.py [--dry]      at the top, once, right after the kit's port.py
+usage: python3 tools/respell.py [--dry]      at the top, once, right after the kit's port.py (later it would turn the
+                                             old names that docs/PORT.md quotes)
 
 The names stand in tools/respell-names.txt: words of specs/ and fields in snake case, facts and records in
 CamelCase, lemmas with a dash kept behind the name of a word (at_most-counts) and an underscore elsewhere.
 It turns specs/, proofs/, and of src/ the ghost lines, the clauses and what comments quote; in README.md and
-docs/ what is quoted. Code, strings, tests, outputs and must-fail edits stay. It goes by text: rt check decides.
+docs/ what is quoted. Code, strings, outputs and must-fail edits stay. It goes by text: rt check decides.
 It says which new names two old ones share or a definition, struct, enum or trait has already, and, when it has
 written, which old name still stands below crates/.
 """
