@@ -10,8 +10,7 @@ pub fn post_both<T: Copy>(tray: &mut Tray<'_, T>, first: T, second: T) -> Result
         return Err(TrayFault::Full);
     }
     tray.push(first)?;
-    tray.push(second)?;
-    Ok(())
+    tray.push(second)
 }
 
 /// Adds two elements the other way round: one more layer, which only hands the tray on.
@@ -26,6 +25,5 @@ pub fn move_back<T: Copy>(tray: &mut Tray<'_, T>, place: usize) -> Result<(), Tr
     ensures { MovedBack tray.old place result tray.new }
 {
     let element = tray.take_out(place)?;
-    tray.push(element)?;
-    Ok(())
+    tray.push(element)
 }

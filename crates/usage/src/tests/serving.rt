@@ -1,9 +1,9 @@
 // What a server does with writes that come twice, early, or too far ahead.
-use nodes::{Body, Message, NodeFault, Payload, Reason, Server, Sizes};
+use nodes::{Body, Message, NodeCause, Payload, Seat, Server, Sizes};
 use stamps::{Stamp, Tray};
 use std::process::Abort;
 use std::test::Fail;
-use stores::{Bank, Entry, One, Table};
+use stores::{Bank, Entry, Fault, One, Table};
 
 const KEY: usize = 3;
 
@@ -31,7 +31,7 @@ fn message(sender: usize, receiver: usize, client: usize, operation: u16, body: 
 }
 
 // What a server has done: what its store shows, how many messages it posted, and the operation of the last of them.
-#[derive(Clone, Copy)]
+#[derive(Clone, Copy, PartialEq, Eq, Debug)]
 struct Seen {
     shown: Option<Entry>,
     posted: usize,
@@ -40,9 +40,7 @@ struct Seen {
 
 // Server 0 of a net of two clients takes the messages one after the other.
 fn after(rt: &impl Abort, f: usize, messages: &[Message]) -> Result<Seen, Fail> {
-    let Ok(sizes) = Sizes::new(f, 2, 64) else {
-        return Err(Fail::new("the sizes are in range"));
-    };
+    let sizes = Sizes::new(f, 2, 64).map_err(|_| Fail::new("the sizes are in range"))?;
     let mut places = [message(
         0,
         0,
@@ -55,18 +53,19 @@ fn after(rt: &impl Abort, f: usize, messages: &[Message]) -> Result<Seen, Fail> 
     let mut pool = Tray::new(&mut places);
     let mut bank = One(Table::new());
     let mut server = Server::new();
+    let seat = Seat {
+        sizes,
+        me: 0,
+        at: 0,
+    };
     for one in messages {
-        assert_eq!(rt;
-            server.receive(&sizes, 0, 0, one, &mut bank, &mut pool),
-            Ok(())
-        );
+        assert_eq!(rt; server.receive(&seat, one, &mut bank, &mut pool), Ok(()));
     }
     let posted = pool.len();
-    let last = match pool.get(posted.saturating_sub(1)) {
-        Ok(message) => message.operation,
-        Err(_) => 0,
-    };
-    let shown = bank.look(0, KEY).ok().ok_or("no such key")?;
+    let last = pool
+        .get(posted.saturating_sub(1))
+        .map_or(0, |message| message.operation);
+    let shown = bank.look(0, KEY).map_err(|_| "no such key")?;
     Ok(Seen {
         shown,
         posted,
@@ -104,19 +103,22 @@ fn equal_ranks_end_the_same_either_way(rt: HostRuntime) -> Result<(), Fail> {
 
 #[test]
 fn four_numbers_ahead_and_no_more(rt: HostRuntime) -> Result<(), Fail> {
-    let Ok(sizes) = Sizes::new(1, 2, 64) else {
-        return Err(Fail::new("the sizes are in range"));
-    };
+    let sizes = Sizes::new(1, 2, 64).map_err(|_| Fail::new("the sizes are in range"))?;
     let server = Server::new();
+    let seat = Seat {
+        sizes,
+        me: 0,
+        at: 0,
+    };
     let bank = One(Table::new());
     let fourth = message(0, 0, 0, 4, Body::Write(payload(4, counts(4, 0), 1)));
     let fifth = message(0, 0, 0, 5, Body::Write(payload(5, counts(5, 0), 1)));
-    assert_eq!(rt; server.check(&sizes, 0, 0, &bank, &fourth, 4), Ok(()));
-    let too_far = NodeFault::Refused {
-        why: Reason::TooFarAhead,
-        node: 0,
+    assert_eq!(rt; server.check(&seat, &bank, &fourth, 4), Ok(()));
+    let too_far = Fault {
+        place: 0,
+        cause: NodeCause::TooFarAhead,
     };
-    assert_eq!(rt; server.check(&sizes, 0, 0, &bank, &fifth, 4), Err(too_far));
+    assert_eq!(rt; server.check(&seat, &bank, &fifth, 4), Err(too_far));
     assert_eq!(rt; too_far.refusal().number, 28);
     Ok(())
 }

@@ -15,23 +15,16 @@ fn ack(operation: u16) -> Message {
     }
 }
 
-fn is_late(answered: Answered) -> bool {
-    match answered {
-        Answered::Late => true,
-        Answered::EndedWrite => false,
-        Answered::EndedRead { key: _, shown: _ } => false,
-    }
-}
-
 #[test]
 fn an_answer_nobody_waits_for_is_late(rt: HostRuntime) {
     let mut places = [ack(0); 8];
     let mut pool = Tray::new(&mut places);
     let mut client = Client::new();
-    assert!(rt; is_late(client.take_answer(&ack(1))));
+    assert_eq!(rt; client.take_answer(&ack(1)), Answered::Late);
     assert!(rt; client.begin_read(0, 3, 3, &mut pool).is_ok());
-    assert!(rt;
-        is_late(client.take_answer(&ack(1))),
+    assert_eq!(rt;
+        client.take_answer(&ack(1)),
+        Answered::Late,
         "a read waits for no ACK"
     );
     assert_eq!(rt; client.begun, 1);
@@ -41,17 +34,12 @@ fn an_answer_nobody_waits_for_is_late(rt: HostRuntime) {
 fn a_foreign_ticket_comes_back(rt: HostRuntime) -> Result<(), Fail> {
     let mut places = [ack(0); 8];
     let mut pool = Tray::new(&mut places);
-    let Ok(mine) = Terminal::new(1, 2, 0) else {
-        return Err(Fail::new("client 0 of two"));
-    };
-    let Ok(other) = Terminal::new(1, 2, 1) else {
-        return Err(Fail::new("client 1 of two"));
-    };
-    let mut mine = mine;
-    let mut other = other;
-    let Ok(ticket) = mine.begin_read(3, &mut pool) else {
-        return Err(Fail::new("a new terminal may read"));
-    };
+    let mut mine = Terminal::new(1, 2, 0).map_err(|_| Fail::new("client 0 of two"))?;
+    let mut other = Terminal::new(1, 2, 1).map_err(|_| Fail::new("client 1 of two"))?;
+    let ticket = mine
+        .begin_read(3, &mut pool)
+        .map_err(|_| Fail::new("a new terminal may read"))?;
+    // Both outcomes are taken apart from here on, since a ticket may not fall away.
     let Err(unfinished) = other.abandon(ticket) else {
         return Err(Fail::new("the ticket is foreign"));
     };

@@ -3,13 +3,13 @@ use crate::posts::{move_back, post_both};
 use stamps::{Concerns, HIGHEST_COUNT, Stamp, Tray, TrayFault, WriteOrder, count_concerning};
 use std::test::Fail;
 
-#[derive(Clone, Copy)]
+#[derive(Clone, Copy, PartialEq, Eq, Debug)]
 struct Request {
     client: usize,
     key: usize,
 }
 
-#[derive(Clone, Copy)]
+#[derive(Clone, Copy, PartialEq, Eq, Debug)]
 struct Line(usize, bool);
 
 impl Concerns for Request {
@@ -87,12 +87,12 @@ fn a_tray_closes_up(rt: HostRuntime) {
     assert_eq!(rt; pool.concerning(1), 2);
     assert_eq!(rt; move_back(&mut pool, 0), Ok(()));
     assert_eq!(rt; move_back(&mut pool, 3), Err(TrayFault::NoSuchPlace(3)));
-    let mut keys = [0; 3];
-    for (place, request) in pool.as_slice().iter().enumerate() {
-        assert!(rt; place < 3);
-        keys[place] = request.key;
-    }
-    assert_eq!(rt; keys, [20, 30, 10]);
+    assert!(rt;
+        pool.as_slice()
+            .iter()
+            .map(|request| request.key)
+            .eq([20, 30, 10])
+    );
     pool.clear();
     assert_eq!(rt; pool.free(), 3);
 }
@@ -102,9 +102,7 @@ fn a_tray_takes_up_what_is_there(rt: HostRuntime) -> Result<(), Fail> {
     let mut places = [Line(5, true), Line(6, false), Line(5, false)];
     assert_eq!(rt; count_concerning(&places, 5), 2);
     assert!(rt; Tray::with_elements(&mut places, 4).is_none());
-    let Some(mut log) = Tray::with_elements(&mut places, 2) else {
-        return Err(Fail::new("two of three places"));
-    };
+    let mut log = Tray::with_elements(&mut places, 2).ok_or("two of three places")?;
     assert_eq!(rt; log.concerning(5), 1);
     assert_eq!(rt; log.replace(1, Line(5, true)), Ok(()));
     assert_eq!(rt;
