@@ -1,5 +1,6 @@
 use nodes::{Body, LoneServer, Message, NodeFault};
 use stamps::Tray;
+use std::fmt;
 use stores::{Bank, One, Table};
 
 /// A box: a server by itself, with a table to keep its entries in.
@@ -12,9 +13,7 @@ pub(crate) struct Hut {
 /// Three boxes, of which one may halt.
 #[derive(Drop)]
 pub(crate) struct Huts {
-    first: Hut,
-    second: Hut,
-    third: Hut,
+    boxes: [Hut; 3],
 }
 
 impl Hut {
@@ -45,42 +44,42 @@ impl Hut {
 impl Huts {
     pub(crate) fn new() -> Result<Huts, NodeFault> {
         Ok(Huts {
-            first: Hut::new(0)?,
-            second: Hut::new(1)?,
-            third: Hut::new(2)?,
+            boxes: [Hut::new(0)?, Hut::new(1)?, Hut::new(2)?],
         })
     }
 
-    /// Hands the message to the box that it goes to.
+    /// Hands the message to the box that it goes to; a number past the last goes to the last, which refuses it.
     pub(crate) fn take(
         &mut self,
         message: &Message,
         pool: &mut Tray<'_, Message>,
     ) -> Result<(), NodeFault> {
-        match message.receiver {
-            0 => self.first.take(message, pool),
-            1 => self.second.take(message, pool),
-            _ => self.third.take(message, pool),
-        }
+        let number = message.receiver.min(self.boxes.len() - 1);
+        let hut = &mut self.boxes[number];
+        hut.take(message, pool)
     }
 
     pub(crate) fn tell(&self, rt: &impl Print, stake: usize) -> anyhow::Result<()> {
-        self.first.tell(rt, 0, stake)?;
-        self.second.tell(rt, 1, stake)?;
-        self.third.tell(rt, 2, stake)
+        for (number, hut) in self.boxes.iter().enumerate() {
+            hut.tell(rt, number, stake)?;
+        }
+        Ok(())
     }
 }
 
-pub(crate) fn tell_message(rt: &impl Print, what: &str, message: &Message) -> anyhow::Result<()> {
-    let kind = match message.body {
-        Body::Read { key: _, stamp: _ } => "READ",
-        Body::Write(_) => "WRITE",
-        Body::Update(_) => "UPDATE",
-        Body::Resp { shown: _, stamp: _ } => "RESP",
-        Body::Ack { stamp: _ } => "ACK",
-    };
-    let from = message.sender;
-    let to = message.receiver;
-    println!(rt; "  {what} {kind} from {from} to {to}")?;
-    Ok(())
+/// A message as the play tells of it: its kind, and from where to where.
+#[derive(Clone, Copy, PartialEq, Eq, Debug)]
+pub(crate) struct Sent(pub(crate) Message);
+
+impl fmt::Display for Sent {
+    fn fmt<W: fmt::Write>(&self, f: &mut fmt::Formatter<W>) -> fmt::Result {
+        let kind = match self.0.body {
+            Body::Read { .. } => "READ",
+            Body::Write(_) => "WRITE",
+            Body::Update(_) => "UPDATE",
+            Body::Resp { .. } => "RESP",
+            Body::Ack { .. } => "ACK",
+        };
+        write!(f, "{kind} from {} to {}", self.0.sender, self.0.receiver)
+    }
 }

@@ -1,4 +1,5 @@
-// Plays what stands so far through, in print: stamps, which of two readings is the later, a pool, and boxes that keep readings.
+// Plays what stands so far through, in print: stamps, which of two readings is the later, a pool, boxes that keep readings,
+// and a write and a read over three boxes.
 #![tactic(auto)]
 
 mod boxes;
@@ -8,17 +9,15 @@ mod party;
 mod pool;
 mod reading;
 
-use anyhow::anyhow;
+use anyhow::Context;
 use boxes::play_boxes;
-use delivery::play_delivery;
+use delivery::Valley;
 use huts::Huts;
 use nodes::{Body, Message, Terminal};
 use pool::play_pool;
-use reading::Reading;
+use reading::{Reading, STAKE};
 use stamps::{Stamp, Tray};
 use stores::Entry;
-
-const STAKE: usize = 2;
 
 // The party reads the stake: its count is raised, and the reading gets its number and rank.
 fn read_stake(
@@ -27,9 +26,7 @@ fn read_stake(
     party: usize,
     length: i32,
 ) -> anyhow::Result<Reading> {
-    let Some(number) = stamp.raise(party) else {
-        return Err(anyhow!("the party has no write left"));
-    };
+    let number = stamp.raise(party).context("the party has no write left")?;
     let rank = stamp.rank();
     println!(rt; "party {party} reads {length} at stake {STAKE}: its write {number}, rank {rank}")?;
     tell_stamp(rt, party, stamp)?;
@@ -44,6 +41,7 @@ fn read_stake(
     })
 }
 
+// Of a stamp the counts of the two parties that play: a text of every stamp would tell eight.
 fn tell_stamp(rt: &impl Print, party: usize, stamp: &Stamp) -> anyhow::Result<()> {
     let first = stamp.count(0);
     let second = stamp.count(1);
@@ -76,7 +74,7 @@ fn run(rt: &impl Print) -> anyhow::Result<()> {
     play_nodes(rt)
 }
 
-// Sets three boxes, a terminal and a pool up.
+// Sets three boxes, a terminal and a pool up, and plays a write and a read.
 fn play_nodes(rt: &impl Print) -> anyhow::Result<()> {
     let blank = Message {
         sender: 0,
@@ -88,16 +86,12 @@ fn play_nodes(rt: &impl Print) -> anyhow::Result<()> {
         },
     };
     let mut places = [blank; 24];
-    let mut pool = Tray::new(&mut places);
-    let Ok(huts) = Huts::new() else {
-        return Err(anyhow!("three boxes are in range"));
+    let mut valley = Valley {
+        huts: Huts::new().context("three boxes are in range")?,
+        pool: Tray::new(&mut places),
     };
-    let Ok(terminal) = Terminal::new(1, 2, 0) else {
-        return Err(anyhow!("party 0 of two is in range"));
-    };
-    let mut huts = huts;
-    let mut terminal = terminal;
-    play_delivery(rt, &mut terminal, &mut huts, &mut pool)
+    let mut terminal = Terminal::new(1, 2, 0).context("party 0 of two is in range")?;
+    valley.play(rt, &mut terminal)
 }
 
 fn main(rt: HostRuntime) -> anyhow::Result<()> {

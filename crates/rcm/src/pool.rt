@@ -1,6 +1,8 @@
 use crate::reading::Reading;
 use stamps::Tray;
 
+// The pool is a tray of the library's, and what prints about it takes both: a wrapper would only hand on.
+
 fn tell_pool(rt: &impl Print, pool: &Tray<'_, Reading>) -> anyhow::Result<()> {
     let free = pool.free();
     println!(rt; "  in the pool, with {free} places free:")?;
