@@ -6,7 +6,7 @@ use crate::message::{Body, Message, Payload};
 
 /// A write that a message brings: from its client, or passed on by another server.
 #[derive(Clone, Copy, PartialEq, Eq, Debug)]
-pub(super) struct Incoming {
+pub struct Incoming {
     pub client: usize,
     pub operation: u16,
     pub payload: Payload,
@@ -15,7 +15,7 @@ pub(super) struct Incoming {
 }
 
 impl Incoming {
-    pub fn new(message: &Message, payload: &Payload, from: Option<usize>) -> Incoming
+    pub(super) fn new(message: &Message, payload: &Payload, from: Option<usize>) -> Incoming
         ensures { result ≡ brought message.now payload.now from }
     {
         Incoming {
@@ -38,7 +38,7 @@ impl Incoming {
     }
 
     // What server `me` has in hand once the write has come in: its contents as they came first, its witnesses all.
-    pub fn held_with(&self, me: usize, held: Option<Held>) -> Held
+    pub(super) fn held_with(&self, me: usize, held: Option<Held>) -> Held
         requires { HaveBits me self.now.from }
         ensures { result ≡ held_with me self.now held }
     {
@@ -58,7 +58,7 @@ impl Incoming {
     }
 
     // The UPDATE by which server `me` passes the write on.
-    pub fn update(&self, me: usize) -> Message
+    pub(super) fn update(&self, me: usize) -> Message
         ensures { result ≡ update_of me self.now }
     {
         Message {
