@@ -61,6 +61,8 @@ fn the_higher_client_breaks_a_tie(rt: HostRuntime) {
     assert!(rt; high.is_later_than(&low) && !low.is_later_than(&high));
     assert!(rt; higher.is_later_than(&high) && !high.is_later_than(&higher));
     assert!(rt; !low.is_later_than(&low));
+    // The derived order is the same.
+    assert!(rt; high > low && higher > high && !(low > low));
 }
 
 #[test]
