@@ -1,17 +1,18 @@
 ghost use Rattle.std.specs.Prelude.{◌≡◌};
-ghost use Rattle.nodes.specs.Serving.{Below, HaveBits, brought, held_with, update_of, witnessed};
+ghost use Rattle.nodes.specs.Serving.{Below, HaveBits, brought, held_with, witnessed};
 
 use super::Held;
-use crate::message::{Body, Message, Payload};
+use crate::message::{Message, Payload};
 
 /// A write that a message brings: from its client, or passed on by another server.
 #[derive(Clone, Copy, PartialEq, Eq, Debug)]
 pub struct Incoming {
     pub client: usize,
-    pub operation: u16,
     pub payload: Payload,
     /// The server that passed it on.
     pub from: Option<usize>,
+    // Last: a payload that stands behind so small a field takes longer to copy.
+    pub operation: u16,
 }
 
 impl Incoming {
@@ -27,7 +28,7 @@ impl Incoming {
     }
 
     // These witnesses, and the server that passed the write on.
-    fn witnessed(&self, witnesses: u8) -> u8
+    pub(super) fn witnessed(&self, witnesses: u8) -> u8
         requires { Below self.now.from 8 }
         ensures { result ≡ witnessed self.now.from witnesses }
     {
@@ -37,36 +38,17 @@ impl Incoming {
         }
     }
 
-    // What server `me` has in hand once the write has come in: its contents as they came first, its witnesses all.
-    pub(super) fn held_with(&self, me: usize, held: Option<Held>) -> Held
+    // What server `me` has in hand of a write that was not: its witnesses are this server and the one that passed it on.
+    pub(super) fn held(&self, me: usize) -> Held
         requires { HaveBits me self.now.from }
-        ensures { result ≡ held_with me self.now held }
+        ensures { result ≡ held_with me self.now None }
     {
-        match held {
-            None => Held {
-                operation: self.operation,
-                key: self.payload.key,
-                value: self.payload.value,
-                stamp: self.payload.stamp,
-                witnesses: self.witnessed(1 << me),
-            },
-            Some(held) => Held {
-                witnesses: self.witnessed(held.witnesses),
-                ..held
-            },
-        }
-    }
-
-    // The UPDATE by which server `me` passes the write on.
-    pub(super) fn update(&self, me: usize) -> Message
-        ensures { result ≡ update_of me self.now }
-    {
-        Message {
-            sender: me,
-            receiver: 0,
-            client: self.client,
+        Held {
             operation: self.operation,
-            body: Body::Update(self.payload),
+            key: self.payload.key,
+            value: self.payload.value,
+            stamp: self.payload.stamp,
+            witnesses: self.witnessed(1 << me),
         }
     }
 }

@@ -34,6 +34,7 @@ impl<'a> Store for Slots<'a> {
     }
 
     fn look(&self, key: usize) -> Result<Option<Entry>, StoreFault> {
+        // Copied: an array that is lent is not read in place behind `&self`.
         let cells = *self.cells;
         cells.get(key).copied().ok_or(lacks(key))
     }
